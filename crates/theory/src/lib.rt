@@ -1,0 +1,1 @@
+// What Tree Caching is, in specs/: definitions, their laws and examples. No code.
