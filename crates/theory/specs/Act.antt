@@ -8,7 +8,7 @@ use lib.Dec.{leb}
 use Rattle.theory.specs.Limits.{entries}
 use Rattle.theory.specs.Sets.{Rules, ∅, _∪_, _∖_, sum, size}
 use Rattle.theory.specs.Changes.{positive, negative}
-use Rattle.theory.specs.State.{State, Mark, moved}
+use Rattle.theory.specs.State.{State, moved}
 use Rattle.theory.specs.Tally.{Tally}
 use Rattle.theory.specs.Choice.{Choice, nothing, change}
 

@@ -1,6 +1,6 @@
 -- Changesets, and the one that Tree Caching acts on (source 001, sections 3 and 4).
 --
--- In order: the board, which is all that a changeset is judged by; valid changesets of the two signs; saturated; quiet; greatest.
+-- In order: the board, which is all that a changeset is judged by; valid changesets of the two signs; saturated; quiet; ready; greatest.
 -- Assumes nothing.
 use Prim.Native.Nat.{ℕ, _*_, _≤_}
 use Rattle.theory.specs.Limits.{entries}
@@ -47,6 +47,11 @@ Saturated b X = size entries X * b .charge ≤ count b X
 -- No valid changeset, of either sign, is saturated.
 abbrev pub Quiet : Board → Type 0
 Quiet b = (g : Sign) (X : Rules) → Valid g b X → Saturated b X → ⊥
+
+-- No valid changeset counts more than its size times the charge, and each saturated one holds rule v.
+pub record Ready (b : Board) (v : ℕ) : Type 0 where
+  pub at-most : (g : Sign) (X : Rules) → Valid g b X → count b X ≤ size entries X * b .charge
+  pub holds : (g : Sign) (X : Rules) → Valid g b X → Saturated b X → v ∈ X
 
 -- A saturated valid changeset of sign g that contains every saturated valid changeset of either sign.
 pub record Greatest (b : Board) (g : Sign) (X : Rules) : Type 0 where

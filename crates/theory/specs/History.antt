@@ -3,10 +3,9 @@
 -- In order: events; rounds, payments and moves; the cache; each rule's counter and what stands; what was wiped; the runs whose events are the step's.
 -- A history holds its newest event first.
 -- Assumes nothing.
-use Prim.Native.Nat.{ℕ, suc, _+_}
-use mathlib.Core.Bool.{Bool, true, false, cond, _&&_}
+use Prim.Native.Nat.{ℕ, _+_}
+use mathlib.Core.Bool.{false, cond}
 use mathlib.Core.List.{List, [], _∷_}
-use mathlib.Core.Path.{_≡_}
 use lib.Dec.{eqb}
 use Rattle.theory.specs.Limits.{entries}
 use Rattle.theory.specs.Sets.{Rules, sum}

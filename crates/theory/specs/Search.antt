@@ -4,16 +4,15 @@
 -- Nothing that says what is right speaks of these.
 -- Assumes nothing.
 use Prim.Native.Nat.{ℕ, zero, suc, _+_, _*_}
-use mathlib.Core.Bool.{Bool, true, false, not}
+use mathlib.Core.Bool.{Bool, true, false}
 use mathlib.Core.Option.{Option, none, some}
 use lib.Dec.{eqb, leb}
 use lib.IntN.{ℤ, pos, _+ℤ_, _-ℤ_, _*ℤ_}
 use lib.Signed.{ltZ}
 use Rattle.theory.specs.Limits.{entries}
-use Rattle.theory.specs.Sets.{Rules, size}
+use Rattle.theory.specs.Sets.{Rules, _∖_, size}
 use Rattle.theory.specs.Tree.{Parent, no-parent, under, Parents}
-use Rattle.theory.specs.Changes.{Sign, positive, negative, Board, count}
-use Rattle.theory.specs.Choice.{Choice, nothing, change}
+use Rattle.theory.specs.Changes.{Board, count}
 
 -- What f says of the parent, or d where there is none.
 abbrev pub of-parent {ℓ} : {A : Type ℓ} → A → (ℕ → A) → Parent → A
@@ -30,7 +29,7 @@ hangs p G (suc f) j i =
     ]
 
 abbrev pub uncached : Board → Rules
-uncached b i = elim (b .rules i) [ true ↦ not (b .cached i) | false ↦ false ]
+uncached b = b .rules ∖ b .cached
 
 -- P(u): u with all uncached rules below it.
 abbrev pub P : Board → ℕ → Rules

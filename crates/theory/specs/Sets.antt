@@ -47,13 +47,14 @@ unfoldable pub sum : ℕ → (ℕ → ℕ) → ℕ
 sum zero f = zero
 sum (suc n) f = sum n f + f n
 
--- f at the members of X, 0 elsewhere.
-abbrev pub at-members : Rules → (ℕ → ℕ) → ℕ → ℕ
-at-members X f i = elim (X i) [ true ↦ f i | false ↦ 0 ]
+-- x for a member, 0 for another.
+abbrev pub if-in : Bool → ℕ → ℕ
+if-in true x = x
+if-in false x = 0
 
 -- The sum of f over the members of X below n.
 abbrev pub over : ℕ → Rules → (ℕ → ℕ) → ℕ
-over n X f = sum n (at-members X f)
+over n X f = sum n (λ i. if-in (X i) (f i))
 
 -- How many members X has below n.
 abbrev pub size : ℕ → Rules → ℕ

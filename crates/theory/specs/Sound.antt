@@ -5,7 +5,7 @@ use mathlib.Core.Path.{_≡_}
 use Rattle.theory.specs.Limits.{entries, most-charge, most-capacity, most-rounds}
 use Rattle.theory.specs.Sets.{_∈_, _∉_, sum, size}
 use Rattle.theory.specs.Tree.{no-parent, under, Closed}
-use Rattle.theory.specs.Changes.{Quiet}
+use Rattle.theory.specs.Changes.{Board, Quiet}
 use Rattle.theory.specs.State.{State, Mark, never, moved, rules, board, Blank}
 use Rattle.theory.specs.Tally.{Tally}
 
@@ -27,12 +27,13 @@ abbrev pub InRounds : ℕ → Mark → Type 0
 InRounds rounds never = Unit
 InRounds rounds (moved r) = (1 ≤ r) × (r ≤ rounds)
 
-pub record Sound (s : State) (t : Tally) : Type 0 where
+-- All clauses, where Q is what is asked of the board's changesets.
+pub record SoundWith (Q : Board → Type 0) (s : State) (t : Tally) : Type 0 where
   pub formed : Formed s
   pub blank : (i : ℕ) → i < entries → i ∉ rules s → Blank s i
   pub closed : Closed (rules s) (s .parent) (s .cached)
   pub within-capacity : size entries (s .cached) ≤ s .capacity
-  pub quiet : Quiet (board s)
+  pub changesets : Q (board s)
   pub rounds : t .rounds ≤ most-rounds
   pub paid : t .paid ≤ t .rounds
   pub standing : t .standing ≡ sum entries (s .counter)
@@ -42,3 +43,7 @@ pub record Sound (s : State) (t : Tally) : Type 0 where
   pub reserve : t .flushes * s .charge * (s .capacity + 1) + s .charge * size entries (s .cached) + t .standing ≤ t .paid
   pub marks : (i : ℕ) → i ∈ rules s → InRounds (t .rounds) (s .mark i)
   pub cached-moved : (i : ℕ) → i ∈ rules s → i ∈ s .cached → s .mark i ≡ never → ⊥
+
+-- No valid changeset is saturated, and all the rest.
+abbrev pub Sound : State → Tally → Type 0
+Sound = SoundWith Quiet

@@ -4,7 +4,6 @@
 -- Not here: what makes a state sound (`Sound`), the tally (`Tally`).
 -- Assumes nothing.
 use Prim.Native.Nat.{ℕ}
-use mathlib.Core.Bool.{false}
 use mathlib.Core.List.{List}
 use mathlib.Core.Path.{_≡_}
 use lib.Dec.{ltb}

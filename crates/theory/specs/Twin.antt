@@ -1,6 +1,6 @@
 -- The executable twin of the step: the same answers, by computing.
 --
--- In order: tests over the entries; soundness, part by part; the choice; one request; a run of them.
+-- In order: tests over the entries; soundness, part by part; the choice; one request.
 -- Each part of `Sound` has its test here under the same name.
 -- Assumes nothing.
 use Prim.Native.Nat.{ℕ, zero, suc, _+_, _*_}
@@ -13,7 +13,7 @@ use lib.ListN.{length}
 use lib.Signed.{ltZ}
 use Rattle.theory.specs.Limits.{entries, most-charge, most-capacity, most-rounds}
 use Rattle.theory.specs.Sets.{Rules, sum, size, listed}
-use Rattle.theory.specs.Tree.{Parent, no-parent, under, Parents}
+use Rattle.theory.specs.Tree.{Parent, no-parent, under}
 use Rattle.theory.specs.Changes.{positive, negative, Board}
 use Rattle.theory.specs.State.{State, Mark, never, moved, rules, board}
 use Rattle.theory.specs.Tally.{Tally}

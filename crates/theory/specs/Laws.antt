@@ -1,0 +1,32 @@
+-- The laws of Tree Caching, each file on those before it: sums, and what changesets of both signs share; Claim 17 and Lemma 1; the positive side, by
+-- the sets P; the negative side, by gains and best sets; states before, between and after payment and act; steps and histories; the twin.
+pub mod Sums
+pub mod Parts
+pub mod Claim17
+pub mod Lemma1
+pub mod Climbs
+pub mod Children
+pub mod Flows
+pub mod Totals
+pub mod Fetching
+pub mod Highest
+pub mod Integers
+pub mod Gains
+pub mod Earnings
+pub mod Best
+pub mod Topmost
+pub mod Least
+pub mod Evicting
+pub mod Sides
+pub mod Formed
+pub mod Serving
+pub mod Acting
+pub mod Stepping
+pub mod Acts
+pub mod Starting
+pub mod Histories
+pub mod Tests
+pub mod Listed
+pub mod Deciding
+pub mod Soundness
+pub mod Twins
