@@ -21,7 +21,7 @@ use Rattle.theory.specs.Choice.{Choice, nothing, change, Chosen}
 use Rattle.theory.specs.Act.{Act, none, fetch, evict, flush, act, marks, resets, cached-after, acted, booked, fetched-by, evicted-by, flushed-by, at-flush}
 use Rattle.theory.specs.Laws.Sums.{in-or-out, clash, and-both, or-one, sum-split, sum-zero, over-zero, over-cut, over-eq, over-disjoint}
 use Rattle.theory.specs.Laws.Lemma1.{lemma-1, left-by, emptied-quiet}
-use Rattle.theory.specs.Laws.Formed.{sound-proper}
+use Rattle.theory.specs.Laws.Formed.{formed-over, sound-proper}
 
 -- ## Sums after an act
 
@@ -61,19 +61,8 @@ Marked a s = (i : ℕ) → i ∈ cached-after a (s .cached) → (i ∈ marks a) 
 module _ (a : Act) {Q : Board → Type 0} {s : State} {t : Tally} (w : SoundWith Q s t) (one : 1 ≤ t .rounds)
     (inside : marks a ⊆ rules s) (marked : Marked a s) where
   acted-formed : Formed (acted a (t .rounds) s)
-  unfolding acted rules
-  acted-formed =
-      let f : Formed s = w .formed in
-      record {
-        some-rule = f .some-rule;
-        few-rules = f .few-rules;
-        some-charge = f .some-charge;
-        small-charge = f .small-charge;
-        some-capacity = f .some-capacity;
-        small-capacity = f .small-capacity;
-        root = f .root;
-        parents = f .parents;
-      }
+  unfolding acted
+  acted-formed = formed-over s (w .formed) _ _ _
 
   unmarked : (i : ℕ) → i ∉ rules s → i ∉ marks a
   unmarked i h = elim (in-or-out (marks a) i) [ inl m ↦ absurd (clash (rules s i) (inside i m) h) | inr m ↦ m ]
@@ -149,9 +138,9 @@ module _ (a : Act) {Q : Board → Type 0} {s : State} {t : Tally} (w : SoundWith
         rounds = w .rounds;
         paid = w .paid;
         standing = refl;
-        account = rw (e) account;
+        account = rw e account;
         balance = balance;
-        reserve = rw (e) reserve;
+        reserve = rw e reserve;
         marks = acted-marks;
         cached-moved = acted-moved;
       }
@@ -166,11 +155,6 @@ none-sound {s = s} {t = t} w one q =
     (w .within-capacity) q (omega (arith, w .account)) (omega (arith, w .balance)) (omega (arith, w .reserve))
 
 -- ## A changeset
-
--- The act of a changeset.
-abbrev pub carry : Sign → Rules → Act
-carry positive X = fetch X
-carry negative X = evict X
 
 -- What holds of a changeset that is acted on, and of what then stands.
 module _ {v : ℕ} {s : State} {t : Tally} (w : SoundWith (λ b. Ready b v) s t) (one : 1 ≤ t .rounds) {X : Rules} where

@@ -1,9 +1,9 @@
 -- The negative side: the best sets decide which changesets are saturated, and which one is the greatest.
 --
--- In order: quiet boards; counts; ready boards, and the greatest set.
+-- In order: quiet boards; ready boards, and the greatest set.
 -- Not here: which sets every saturated changeset holds (`Least`).
 -- Assumes nothing.
-use Prim.Native.Nat.{ℕ, _*_, _≤_}
+use Prim.Native.Nat.{ℕ}
 use mathlib.Core.Bool.{true, false}
 use mathlib.Core.Path.{_≡_}
 use mathlib.Core.Logic.{inl, inr, _↔_}
@@ -12,13 +12,13 @@ use native.Mathlib.Omega.{arith}
 use lib.IntN.{pos}
 use lib.Signed.{ltZ}
 use Rattle.theory.specs.Limits.{entries}
-use Rattle.theory.specs.Sets.{Rules, _∈_, size}
-use Rattle.theory.specs.Changes.{Sign, positive, negative, Board, Valid, count, Saturated, Quiet, Ready, Greatest}
+use Rattle.theory.specs.Sets.{Rules, _∈_}
+use Rattle.theory.specs.Changes.{Sign, positive, negative, Board, Valid, Saturated, Quiet, Ready, Greatest}
 use Rattle.theory.specs.Search.{gain, best}
 use Rattle.theory.specs.Laws.Sums.{in-or-out, clash, and-both}
 use Rattle.theory.specs.Laws.Parts.{Proper, side, valid-part, part-valid}
 use Rattle.theory.specs.Laws.Climbs.{AtOrBelow}
-use Rattle.theory.specs.Laws.Topmost.{Topmost, topmost-same, best-part, best-gains, best-below, saturated-best, best-at-most}
+use Rattle.theory.specs.Laws.Topmost.{Topmost, topmost-same, best-part, best-gains, best-below, saturated-best}
 
 module _ (b : Board) {rank : ℕ → ℕ} (o : Proper b rank) where
   best-valid : (r : ℕ) → Topmost b r → Valid negative b (best b entries r)
@@ -46,14 +46,6 @@ module _ (b : Board) {rank : ℕ → ℕ} (o : Proper b rank) where
           let (t, n, g, m) =
           saturated-best b o (λ r t. omega (arith, lt-of-not-le (no r t))) X x f (x .some .0) (x .some .1) in
           no t n g
-
-  -- No negative changeset counts more than its size times the charge exactly where no best set of a topmost rule does.
-  pub negative-at-most : ((X : Rules) → Valid negative b X → count b X ≤ size entries X * b .charge) ↔
-      ((r : ℕ) → Topmost b r → count b (best b entries r) ≤ size entries (best b entries r) * b .charge)
-  negative-at-most = (
-    λ h r t. h (best b entries r) (best-valid r t),
-    λ h X v. best-at-most b o h X (valid-part b o negative X v),
-  )
 
   -- ## A ready board
 

@@ -7,10 +7,10 @@ use native.Mathlib.Decide.{ℕ-discrete}
 use native.Mathlib.Omega.{arith}
 use borrow.Author.Tests.{ltb-true, lt-ltb}
 use Rattle.theory.specs.Limits.{entries}
-use Rattle.theory.specs.Sets.{_∈_, _∉_, Within}
+use Rattle.theory.specs.Sets.{Rules, _∈_, _∉_, Within}
 use Rattle.theory.specs.Tree.{no-parent, under, Closed, Ranked}
 use Rattle.theory.specs.Changes.{Board}
-use Rattle.theory.specs.State.{State, rules, board, Blank}
+use Rattle.theory.specs.State.{State, Mark, rules, board, Blank}
 use Rattle.theory.specs.Tally.{Tally}
 use Rattle.theory.specs.Sound.{Formed, SoundWith}
 use Rattle.theory.specs.Laws.Sums.{in-or-out, clash}
@@ -41,6 +41,23 @@ formed-ranked s f =
       parent-rule =
           λ i a m e. rule-is s a .1 (omega (arith, formed-falls s f i a m e, rule-is s i .0 m));
       falls = formed-falls s f;
+    }
+
+-- Whether a state is formed does not depend on cache, counters and marks.
+pub formed-over : (s : State) → Formed s → (C : Rules) (c : ℕ → ℕ) (m : ℕ → Mark) →
+    Formed
+    (record { n = s .n; charge = s .charge; capacity = s .capacity; parent = s .parent; cached = C; counter = c; mark = m })
+unfolding rules
+formed-over s f C c m =
+    record {
+      some-rule = f .some-rule;
+      few-rules = f .few-rules;
+      some-charge = f .some-charge;
+      small-charge = f .small-charge;
+      some-capacity = f .some-capacity;
+      small-capacity = f .small-capacity;
+      root = f .root;
+      parents = f .parents;
     }
 
 -- Entries that are no rules hold nothing.

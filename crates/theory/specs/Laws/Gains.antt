@@ -2,8 +2,8 @@
 --
 -- In order: the gain as a difference of naturals; its sign; its additivity; its bounds; the gain of one rule.
 -- Assumes nothing.
-use Prim.Native.Nat.{ℕ, zero, suc, _+_, _*_, _-_, _<_, _≤_}
-use mathlib.Core.Bool.{Bool, true, false}
+use Prim.Native.Nat.{ℕ, suc, _+_, _*_, _-_, _<_, _≤_}
+use mathlib.Core.Bool.{true}
 use mathlib.Core.Logic.{_↔_}
 use mathlib.Core.Path.{_≡_, refl, ap, ap₂, _∙_}
 use native.Mathlib.Nat as NatL
@@ -14,10 +14,10 @@ use lib.IntN.{ℤ, pos, subℕ, _+ℤ_, _-ℤ_, _*ℤ_}
 use lib.Signed.{ltZ}
 use borrow.Author.Tests.{eqb-true, eq-eqb}
 use Rattle.theory.specs.Limits.{entries, most-charge}
-use Rattle.theory.specs.Sets.{Rules, _∈_, _∉_, _⊆_, _∪_, Within, NonEmpty, sum, if-in, over, size}
+use Rattle.theory.specs.Sets.{Rules, _∈_, _∉_, _⊆_, _∪_, Within, NonEmpty, over, size}
 use Rattle.theory.specs.Changes.{Sign, Board, Valid, count, Saturated, Quiet, Ready}
 use Rattle.theory.specs.Search.{gain}
-use Rattle.theory.specs.Laws.Sums.{over-mono, size-pos, over-one, over-disjoint}
+use Rattle.theory.specs.Laws.Sums.{over-mono, size-pos, over-one, over-disjoint, size-at-most}
 use Rattle.theory.specs.Laws.Integers.{up, down, sub-up, sub-down, pos-sub, sub-sum, sub-add, sub-mul, above-is}
 
 -- A gain, of count c, size s, charge k and scale m, is a difference of naturals.
@@ -140,16 +140,6 @@ pub quiet-gain : (b : Board) → Quiet b → (g : Sign) (X : Rules) → Valid g 
 quiet-gain b q g X a =
     gain-at-most b X
     (elim (decLe (size entries X * b .charge) (count b X)) [ yes l ↦ absurd (q g X a l) | no d ↦ omega (arith, d) ])
-
--- A set has at most n members below n.
-pub size-at-most : (n : ℕ) (X : Rules) → size n X ≤ n
-unfolding sum
-size-at-most zero X = omega arith
-size-at-most (suc n) X = omega (arith, size-at-most n X, one (X n))
-  where
-    one : (x : Bool) → if-in x 1 ≤ 1
-    one true = omega arith
-    one false = omega arith
 
 -- The two limits as numbers.
 few : (X : Rules) → size entries X ≤ 1024

@@ -99,13 +99,6 @@ apart positive R C y m k =
 apart negative R C y m k =
     clash (C y) (and-both (R y) (C y) m .1) (not-true (C y) (and-both (R y) (not (C y)) k .1))
 
--- A rule is on one side only.
-pub one-side : (g h : Sign) (b : Board) (y : ℕ) → y ∈ side g b → y ∈ side h b → g ≡ h
-one-side positive positive b y m k = refl
-one-side positive negative b y m k = absurd (apart positive (b .rules) (b .cached) y m k)
-one-side negative positive b y m k = absurd (apart negative (b .rules) (b .cached) y m k)
-one-side negative negative b y m k = refl
-
 -- ## Two sums
 
 -- The side that lost X: a saturated part of what is left would, with X, be saturated before.

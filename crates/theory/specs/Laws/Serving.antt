@@ -19,7 +19,7 @@ use Rattle.theory.specs.Laws.Sums.{clash, sum-at}
 use Rattle.theory.specs.Laws.Parts.{Proper}
 use Rattle.theory.specs.Laws.Integers.{up}
 use Rattle.theory.specs.Laws.Gains.{quiet-gain, ready-gain}
-use Rattle.theory.specs.Laws.Formed.{rules-within, sound-proper}
+use Rattle.theory.specs.Laws.Formed.{rules-within, formed-over, sound-proper}
 use Rattle.theory.specs.Laws.Claim17.{paid-for, raise-at, raise-off, claim-17, quiet-ready}
 
 -- ## The board after the payment
@@ -107,19 +107,8 @@ module _ (s : State) (t : Tally) (q : Request) (o : Sound s t) (m : q .rule ∈ 
       }
 
   served-formed : Formed (served s q)
-  unfolding served rules
-  served-formed =
-      let f : Formed s = o .formed in
-      record {
-        some-rule = f .some-rule;
-        few-rules = f .few-rules;
-        some-charge = f .some-charge;
-        small-charge = f .small-charge;
-        some-capacity = f .some-capacity;
-        small-capacity = f .small-capacity;
-        root = f .root;
-        parents = f .parents;
-      }
+  unfolding served
+  served-formed = formed-over s (o .formed) _ _ _
 
   served-standing : sum entries (served s q .counter) ≡ t .standing + cost (payment (s .cached) q)
   unfolding served

@@ -1,7 +1,7 @@
 -- A board is quiet, or ready at v, exactly where the sets P of its uncached rules and the best sets of its topmost cached rules say so.
 -- Assumes nothing.
 use Prim.Native.Nat.{ℕ, _*_, _≤_}
-use mathlib.Core.Bool.{true, false}
+use mathlib.Core.Bool.{false}
 use mathlib.Core.Path.{_≡_}
 use mathlib.Core.Logic.{_↔_}
 use lib.IntN.{pos}

@@ -1,4 +1,6 @@
 -- Laws of sums over sets of rules.
+--
+-- In order: membership; sums; sums over sets; sizes.
 -- Assumes nothing.
 use Prim.Native.Nat.{ℕ, zero, suc, _+_, _*_, _<_, _≤_}
 use mathlib.Core.Bool.{Bool, true, false, not, _&&_, _||_}
@@ -17,7 +19,7 @@ in-or-out X i = go (X i) refl
     go true e = inl e
     go false e = inr e
 
--- below n a set has a member or none
+-- Below n a set has a member or none.
 pub some-or-none : (n : ℕ) (X : Rules) → NonEmpty X ⊎ ((i : ℕ) → i < n → i ∉ X)
 some-or-none zero X = inr (λ i l. absurd (omega arith))
 some-or-none (suc n) X =
@@ -48,13 +50,13 @@ not-true false h = refl
 
 -- ## Sums
 
--- a sum is taken term by term: the inductions that the other laws need
+-- Sums are compared term by term; the laws below need no other induction than these.
 pub sum-le : (n : ℕ) (f g : ℕ → ℕ) → ((i : ℕ) → i < n → f i ≤ g i) → sum n f ≤ sum n g
 unfolding sum
 sum-le zero f g h = omega arith
 sum-le (suc n) f g h = omega (arith, sum-le n f g (λ i l. h i (omega arith)), h n (omega arith))
 
--- of two sums and two others
+-- The same of two sums and two others.
 pub sum-trade : (n : ℕ) (f g h k : ℕ → ℕ) → ((i : ℕ) → i < n → f i + g i ≡ h i + k i) →
     sum n f + sum n g ≡ sum n h + sum n k
 unfolding sum
@@ -79,7 +81,7 @@ unfolding sum
 sum-scale zero f c = omega arith
 sum-scale (suc n) f c = omega (arith, sum-scale n f c)
 
--- two functions that differ at one place only
+-- Two functions that differ at one place only.
 pub sum-at : (n v : ℕ) (f g : ℕ → ℕ) → v < n → ((i : ℕ) → i < n → (i ≡ v → ⊥) → f i ≡ g i) →
     sum n f + g v ≡ sum n g + f v
 unfolding sum
@@ -91,11 +93,11 @@ sum-at (suc n) v f g l e =
       | no d ↦ omega (arith, sum-at n v f g (omega (arith, d)) (λ i k. e i (omega arith)), e n (omega arith) d)
     ]
 
--- all terms but one are 0
+-- All terms but one are 0.
 pub sum-one : (n v : ℕ) (f : ℕ → ℕ) → v < n → ((i : ℕ) → i < n → (i ≡ v → ⊥) → f i ≡ 0) → sum n f ≡ f v
 sum-one n v f l e = omega (arith, sum-at n v f (λ i. 0) l e, sum-zero n (λ i. 0) (λ i l. refl))
 
--- a term is at most the sum
+-- A term is at most the sum.
 pub sum-term : (n v : ℕ) (f : ℕ → ℕ) → v < n → f v ≤ sum n f
 unfolding sum
 sum-term zero v f l = absurd (omega arith)
@@ -105,7 +107,7 @@ sum-term (suc n) v f l =
       | no d ↦ omega (arith, sum-term n v f (omega (arith, d)))
     ]
 
--- sums with terms in order, that are equal, have equal terms
+-- Where no term is above the other's and the sums are equal, the terms are.
 pub sum-tight : (n : ℕ) (f g : ℕ → ℕ) → ((i : ℕ) → i < n → f i ≤ g i) → sum n g ≤ sum n f →
     (v : ℕ) → v < n → g v ≤ f v
 unfolding sum
@@ -118,7 +120,7 @@ sum-tight (suc n) f g h e v l =
       | no d ↦ sum-tight n f g (λ i k. h i (omega arith)) (omega arith) v (omega (arith, d))
     ]
 
--- the order of two sums
+-- The order of two sums does not matter.
 pub sum-swap : (n m : ℕ) (f : ℕ → ℕ → ℕ) → sum n (λ a. sum m (λ w. f a w)) ≡ sum m (λ w. sum n (λ a. f a w))
 unfolding sum
 sum-swap zero m f = omega (arith, sum-zero m (λ w. 0) (λ i l. refl))
@@ -183,7 +185,7 @@ over-eq n X Y f g s t h =
       over-le n Y X g f t (λ i l m. omega (arith, h i l (t i m))),
     )
 
--- the same set and function, below n
+-- The same set and function, below n.
 pub over-same : (n : ℕ) (X Y : Rules) (f g : ℕ → ℕ) → ((i : ℕ) → i < n → X i ≡ Y i) →
     ((i : ℕ) → i < n → i ∈ X → f i ≡ g i) → over n X f ≡ over n Y g
 over-same n X Y f g s h =
@@ -236,13 +238,13 @@ over-term n X f v l m = rw m at (sum-term n v (λ i. if-in (X i) (f i)) l)
 pub size-pos : (n : ℕ) (X : Rules) → Within n X → NonEmpty X → 1 ≤ size n X
 size-pos n X w e = over-term n X (λ i. 1) (e .0) (w (e .0) (e .1)) (e .1)
 
--- two functions that differ at one member of the set only
+-- Two functions that differ at one member of the set only.
 pub over-at : (n : ℕ) (X : Rules) (f g : ℕ → ℕ) (v : ℕ) → v < n → v ∈ X →
     ((i : ℕ) → (i ≡ v → ⊥) → f i ≡ g i) → over n X f + g v ≡ over n X g + f v
 over-at n X f g v l m e =
     rw m at (sum-at n v (λ i. if-in (X i) (f i)) (λ i. if-in (X i) (g i)) l (λ i k d. ap (if-in (X i)) (e i d)))
 
--- the sum over a set in which only v counts
+-- The sum over a set in which only v counts.
 pub over-one : (n : ℕ) (X : Rules) (f : ℕ → ℕ) (v : ℕ) → v < n → v ∈ X →
     ((i : ℕ) → i < n → i ∈ X → i ≡ v) → over n X f ≡ f v
 over-one n X f v l m e =
@@ -252,17 +254,6 @@ over-one n X f v l m e =
   where
     one : (i : ℕ) → i < n → (i ≡ v → ⊥) → if-in (X i) (f i) ≡ 0
     one i k d = elim (in-or-out X i) [ inl h ↦ absurd (d (e i k h)) | inr h ↦ rw h ]
-
--- strictly less at each member
-pub over-lt : (n : ℕ) (X : Rules) (f g : ℕ → ℕ) → Within n X → NonEmpty X →
-    ((i : ℕ) → i < n → i ∈ X → f i < g i) → over n X f < over n X g
-over-lt n X f g w e h =
-    omega (
-      arith,
-      over-le n X X (λ i. f i + 1) g (λ i m. m) (λ i l m. omega (arith, h i l m)),
-      over-add n X f (λ i. 1),
-      size-pos n X w e,
-    )
 
 pub over-disjoint : (n : ℕ) (X Y : Rules) (f : ℕ → ℕ) → ((i : ℕ) → i ∈ X → i ∉ Y) →
     over n (X ∪ Y) f ≡ over n X f + over n Y f
@@ -275,11 +266,12 @@ over-disjoint n X Y f d =
 
 -- ## Sizes
 
-pub full : (n : ℕ) (X Y : Rules) → X ⊆ Y → Within n Y → size n Y ≤ size n X → Y ⊆ X
-full n X Y s w h i m =
-    elim (in-or-out X i) [
-      | inl k ↦ k
-      | inr k ↦
-          let t : 1 ≤ size n (Y ∖ X) = over-term n (Y ∖ X) (λ i. 1) i (w i m) (cc) in
-          absurd (omega (arith, over-cut n Y X (λ i. 1), over-mono n X (Y ∩ X) (λ i. 1) (λ j p. let q : j ∈ Y = s j p in cc)))
-    ]
+-- A set has at most n members below n.
+pub size-at-most : (n : ℕ) (X : Rules) → size n X ≤ n
+unfolding sum
+size-at-most zero X = omega arith
+size-at-most (suc n) X = omega (arith, size-at-most n X, one (X n))
+  where
+    one : (x : Bool) → if-in x 1 ≤ 1
+    one true = omega arith
+    one false = omega arith

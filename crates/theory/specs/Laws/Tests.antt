@@ -8,8 +8,8 @@ use mathlib.Core.Logic.{inl, inr, _↔_}
 use mathlib.Core.Path.{_≡_, refl}
 use native.Mathlib.Decide.{ℕ-discrete}
 use native.Mathlib.Omega.{arith}
-use lib.Dec.{eqb, leb, ltb}
-use borrow.Author.Tests.{ltb-true, leb-true, eqb-true, lt-ltb, le-leb, eq-eqb}
+use lib.Dec.{eqb, leb}
+use borrow.Author.Tests.{leb-true, eqb-true, le-leb, eq-eqb}
 use Rattle.theory.specs.Sets.{Rules, _∈_}
 use Rattle.theory.specs.Twin.{all, all-of, from-one}
 use Rattle.theory.specs.Laws.Sums.{in-or-out, clash, and-both, not-true}
@@ -18,9 +18,6 @@ use Rattle.theory.specs.Laws.Sums.{in-or-out, clash, and-both, not-true}
 
 pub leb-is : (a b : ℕ) → (leb a b ≡ true) ↔ (a ≤ b)
 leb-is a b = (leb-true a b, le-leb a b)
-
-pub ltb-is : (a b : ℕ) → (ltb a b ≡ true) ↔ (a < b)
-ltb-is a b = (ltb-true a b, lt-ltb a b)
 
 pub eqb-is : (a b : ℕ) → (eqb a b ≡ true) ↔ (a ≡ b)
 eqb-is a b = (eqb-true a b, eq-eqb a b)

@@ -2,14 +2,12 @@
 -- Assumes nothing.
 use Prim.Native.Nat.{ℕ, _<_, _≤_}
 use mathlib.Core.Bool.{Bool, true, false}
-use mathlib.Core.Logic.{_↔_}
 use mathlib.Core.Path.{_≡_, refl, sym, subst}
 use native.Mathlib.Omega.{arith}
 use lib.Dec.{eqb}
 use borrow.Author.Tests.{eqb-true, eqb-false}
 use Rattle.theory.specs.Limits.{most-rounds}
 use Rattle.theory.specs.Sets.{_∈_, _∉_}
-use Rattle.theory.specs.Changes.{Board, Ready}
 use Rattle.theory.specs.State.{rules, board}
 use Rattle.theory.specs.Refusals.{not-a-rule, out-of-rounds, unsound}
 use Rattle.theory.specs.Payment.{Request, free, paid, payment, served}
@@ -17,7 +15,6 @@ use Rattle.theory.specs.Choice.{Choice, nothing, Chosen}
 use Rattle.theory.specs.Step.{Lent, Answer, refused, done, Fit, act-of, after, Step, refused-9, refused-7, refused-8, accepted}
 use Rattle.theory.specs.Twin.{Result, fit, chosen, step}
 use Rattle.theory.specs.Laws.Sums.{clash}
-use Rattle.theory.specs.Laws.Parts.{Proper}
 use Rattle.theory.specs.Laws.Stepping.{one-step}
 use Rattle.theory.specs.Laws.Soundness.{fit-decides}
 use Rattle.theory.specs.Laws.Deciding.{chosen-is}
