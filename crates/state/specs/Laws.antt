@@ -1,6 +1,6 @@
 -- Laws about columns.
 -- Assumes nothing.
-use Rattle.std.specs.Prelude.{ℕ, ◌≡◌, replicate}
+use Rattle.std.specs.Prelude.{ℕ, replicate}
 use Rattle.std.proofs.lemmas.List.{length-replicate, get_or-replicate}
 use Rattle.theory.specs.Limits.{entries}
 use Rattle.state.specs.Columns.{Zeros}

@@ -1,12 +1,11 @@
 -- The parts of soundness, as the code's functions decide them.
 -- Assumes nothing.
-use Rattle.std.specs.Prelude.{ℕ, ◌<◌, ◌≤◌, List, [], ◌≡◌, length, get_or}
+use Rattle.std.specs.Prelude.{ℕ, ◌<◌, ◌≤◌, List, ◌≡◌, length, get_or}
 use Rattle.theory.specs.Limits.{entries}
 use Rattle.theory.specs.Sets.{◌∈◌}
-use Rattle.theory.specs.Tree.{no_parent}
 use Rattle.theory.specs.State as Theory
 use Rattle.theory.specs.Sound.{InRounds, Sound}
-use Rattle.state.specs.Columns.{parents, flagged, marks, first, state_of, told, Readable}
+use Rattle.state.specs.Columns.{flagged, marks, state_of, told, Readable}
 use Rattle.state.specs.declared.Tally.{Tally}
 
 -- From 1 to most.

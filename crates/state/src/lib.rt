@@ -1,4 +1,6 @@
 // The state and the tally as they are lent, and the fresh state.
+#![tactic(auto)]
+
 ghost use Rattle.std.specs.Prelude.{◌≡◌, ◌^◌, ◌<◌};
 ghost use Rattle.state.specs.Columns.{Fresh};
 

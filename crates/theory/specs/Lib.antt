@@ -1,5 +1,5 @@
 -- Tree Caching: first the definitions, in the order in which they build on one another; then how the set to act on may be found, and the
--- executable twin of the step; then the laws, and the three demands proved; then examples.
+-- executable twin of the step.
 pub mod Limits
 pub mod Sets
 pub mod Tree
@@ -17,6 +17,3 @@ pub mod History
 pub mod Demands
 pub mod Search
 pub mod Twin
-pub mod Laws
-pub mod Theorems
-pub mod Examples
