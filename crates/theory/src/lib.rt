@@ -1,2 +1,2 @@
-// What Tree Caching is, in specs/: definitions, their laws and examples. No code.
+// What Tree Caching is: definitions in specs/; laws, theorems and examples in proofs/. No code.
 #![tactic(auto)]
