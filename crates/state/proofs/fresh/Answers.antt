@@ -1,10 +1,9 @@
 -- `state::fresh` meets its contract. Assumes nothing.
-use mathlib.Core.Path.{refl}
+use Rattle.std.proofs.Common.{refl}
 use Rattle.state.specs.Laws.{zeros}
-use Rattle.state.proofs.fresh.Statement.{statement}
-use Rattle.state.proofs.fresh.Tie as tie
+use Rattle.state.proofs.fresh.Goals as goal
 
-returns : tie.Need-returns
+pub returns : goal.returns
 returns c =
     record {
       same_n = refl;
@@ -16,6 +15,3 @@ returns c =
       no_kind = zeros;
       no_round = zeros;
     }
-
-pub fresh_spec : {M : Type 1} → statement M
-fresh_spec = tie.close (tie.spec returns)
