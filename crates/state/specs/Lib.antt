@@ -1,4 +1,3 @@
 -- What the columns of a lent state mean.
 pub mod Columns
 pub mod Parts
-pub mod Laws

@@ -1,0 +1,2 @@
+-- Laws about columns.
+pub mod Columns
