@@ -10,8 +10,6 @@ use Rattle.theory.specs.Sets.{Rules}
 use Rattle.theory.specs.Tree.{Parent, no_parent, under, Parents}
 use Rattle.theory.specs.State as Theory
 use Rattle.theory.specs.Tally as Told
-use Rattle.state.specs.declared.mark.Mark.{Mark}
-use Rattle.state.specs.declared.mark.Mark.TheVariants.{Never, Moved}
 use Rattle.state.specs.declared.state.State.{State}
 use Rattle.state.specs.declared.table.Table.{Table}
 use Rattle.state.specs.declared.tally.Tally.{Tally}
@@ -19,7 +17,7 @@ use Rattle.state.specs.declared.tally.Tally.{Tally}
 -- ## An entry
 
 -- 65535 stands for no parent.
-unfoldable pub parent_of : ℕ → Parent
+abbrev pub parent_of : ℕ → Parent
 parent_of x = if x == 65535 then no_parent else under x
 
 -- 1 stands for yes.
@@ -27,7 +25,7 @@ abbrev pub flag : ℕ → Bool
 flag x = x == 1
 
 -- Kind 0 stands for never.
-unfoldable pub mark_of : ℕ → ℕ → Theory.Mark
+abbrev pub mark_of : ℕ → ℕ → Theory.Mark
 mark_of kind round = if kind == 0 then Theory.never else Theory.moved round
 
 -- ## A column
@@ -76,10 +74,10 @@ abbrev pub told_parent : Option ℕ → Parent
 told_parent None = no_parent
 told_parent (Some a) = under a
 
--- A mark as a function tells it.
-abbrev pub told_mark : Mark → Theory.Mark
-told_mark Never = Theory.never
-told_mark (Moved r) = Theory.moved r
+-- A mark as a function tells it: the round, if it is one.
+abbrev pub told_mark : Option ℕ → Theory.Mark
+told_mark None = Theory.never
+told_mark (Some r) = Theory.moved r
 
 -- Flags and kinds are 0 or 1, and never goes with a blank round: such a state is read in one way only.
 pub record Readable (s : State) : Type 0 where

@@ -1,4 +1,4 @@
--- The parts of soundness, as the code's functions decide them.
+-- The parts of soundness, said of the columns of a lent state.
 -- Assumes nothing.
 use Rattle.std.specs.Prelude.{ℕ, ◌<◌, ◌≤◌, ◌≡◌, length, slice_index_or}
 use Rattle.theory.specs.Limits.{entries}

@@ -1,12 +1,10 @@
 // The state and the tally as they are lent, what an entry holds, and the fresh state.
 #![tactic(auto)]
 
-mod mark;
 mod state;
 mod table;
 mod tally;
 
-pub use mark::Mark;
 pub use state::State;
 pub use table::{NO_PARENT, Table};
 pub use tally::Tally;
