@@ -1,6 +1,7 @@
 use crate::table::{NO_PARENT, Table};
 
 const CACHED: u8 = 1;
+
 const NEVER: u8 = 0;
 
 /// A table, and of each entry whether it is cached, its counter and its mark. In a sound state, entries past the last rule are blank.
@@ -59,7 +60,9 @@ impl State {
     pub fn counter(&self, entry: usize) -> u64
         ensures { result ≡ (read self.now).counter entry }
     {
-        self.counter.get(entry).map_or(0, |&counter| u64::from(counter))
+        self.counter
+            .get(entry)
+            .map_or(0, |&counter| u64::from(counter))
     }
 
     /// The round in which the entry last moved, if it ever did; a kind that is neither 0 nor 1 is told as moved.
