@@ -5,7 +5,6 @@
 use Rattle.std.specs.Prelude.{ℕ, Bool, true, false, List, Option, Some, None, ◌↔◌, ◌≡◌, refl, IsTrue}
 use Rattle.std.proofs.Common.{sym, ◌∙◌, arith}
 use Rattle.std.proofs.lemmas.List.{ext_get_or}
-use Rattle.theory.specs.Limits.{entries}
 use Rattle.theory.specs.Sets.{◌∈◌}
 use Rattle.state.specs.Columns.{read, told_parent, told_mark, Zeros, Fresh}
 use Rattle.state.specs.declared.state.State.{State}
